@@ -19,8 +19,5 @@ pub mod WrittenRows
 pub mod PlanCongruence
 pub mod WrittenLists
 pub mod ViewArms
-pub mod Growth
-pub mod Keyed
-pub mod Undoing
 pub mod Covering
 pub mod LoopHeads

@@ -24,16 +24,15 @@ ghost use Rattle.html_context.specs.Walks.{view_site};
 
 use crate::classes::kind_class;
 use crate::fault::Site;
-use crate::narrowing::{narrow_variables, restore};
 use crate::parts::all_parts;
 use crate::scope::{enter_loop, pass};
 use crate::source::Source;
 use crate::table::Row;
 use crate::templates::callee;
-use crate::visible::Visible;
 use crate::writing::{write, write_hole, write_nothing, write_print, write_text};
 use msg_extract::{NamedMessage, NamedPlaceholders, Placeholder, Translations};
 use soy_base::{Boxed, OutOfMemory, Seq, Text};
+use soy_expr::{VisibleVariables, narrow_variables, restore};
 use soy_rules::Templates;
 use soy_tree::{
     Argument, Arm, Case, Form, Given, Message, MessageBody, MsgPart, Node, PluralCase, SelectCase,
@@ -82,7 +81,7 @@ impl<'a> Builder<'a> {
         &self,
         at: Site,
         message: &NamedMessage<'_>,
-        vars: &Visible,
+        vars: &VisibleVariables,
         placeholders: &[Placeholder],
         parts: &[MsgPart],
         rows: &mut Vec<Row>,
@@ -100,7 +99,7 @@ impl<'a> Builder<'a> {
         &self,
         at: Site,
         message: &NamedMessage<'_>,
-        vars: &Visible,
+        vars: &VisibleVariables,
         placeholders: &NamedPlaceholders<'_>,
         parts: &[MsgPart],
         rows: &mut Vec<Row>,
@@ -125,7 +124,7 @@ impl<'a> Builder<'a> {
         &self,
         at: Site,
         message: &Message,
-        vars: &Visible,
+        vars: &VisibleVariables,
         before: Vec<usize>,
         rows: &mut Vec<Row>,
     ) -> Result<Vec<usize>, OutOfMemory>
@@ -146,7 +145,7 @@ impl<'a> Builder<'a> {
         &self,
         at: Site,
         message: &NamedMessage<'_>,
-        vars: &Visible,
+        vars: &VisibleVariables,
         before: Vec<usize>,
         rows: &mut Vec<Row>,
     ) -> Result<Vec<usize>, OutOfMemory>
@@ -170,7 +169,7 @@ impl<'a> Builder<'a> {
         &self,
         at: Site,
         other: &Option<Boxed<Message>>,
-        vars: &Visible,
+        vars: &VisibleVariables,
         before: Vec<usize>,
         rows: &mut Vec<Row>,
     ) -> Result<Vec<usize>, OutOfMemory>
@@ -193,7 +192,7 @@ impl<'a> Builder<'a> {
         source: usize,
         message: &Message,
         other: &Option<Boxed<Message>>,
-        vars: &Visible,
+        vars: &VisibleVariables,
         rows: &mut Vec<Row>,
     ) -> Result<usize, OutOfMemory>
         requires { source < length rows.old.items }
@@ -211,11 +210,11 @@ impl<'a> Builder<'a> {
 
     /// Writes nodes, one after the other.
     #[cycle(building)]
-    #[tactic(auto, using(crate::proofs::Growth::grown_same, crate::proofs::Growth::grown_left))]
+    #[tactic(auto, using(soy_expr::proofs::Growth::grown_same, soy_expr::proofs::Growth::grown_left))]
     pub(crate) fn nodes(
         &self,
         nodes: &[Node],
-        vars: &mut Visible,
+        vars: &mut VisibleVariables,
         rows: &mut Vec<Row>,
     ) -> Result<usize, OutOfMemory>
         ensures writes { Writes (nodes_plan (plan_context self.now) (view_nodes nodes.now) (view_vars vars.old))
@@ -235,11 +234,11 @@ impl<'a> Builder<'a> {
 
     /// Writes a node.
     #[cycle(building)]
-    #[tactic(auto, using(crate::proofs::Growth::grown_left))]
+    #[tactic(auto, using(soy_expr::proofs::Growth::grown_left))]
     fn node(
         &self,
         node: &Node,
-        vars: &mut Visible,
+        vars: &mut VisibleVariables,
         rows: &mut Vec<Row>,
     ) -> Result<usize, OutOfMemory>
         ensures writes { Writes (node_plan (plan_context self.now) (view_node node.now) (view_vars vars.old))
@@ -288,7 +287,7 @@ impl<'a> Builder<'a> {
         at: Site,
         arms: &[Arm],
         other: &[Node],
-        vars: &mut Visible,
+        vars: &mut VisibleVariables,
         rows: &mut Vec<Row>,
     ) -> Result<usize, OutOfMemory>
         ensures writes { Writes (arms_meet (view_site at)
@@ -317,7 +316,7 @@ impl<'a> Builder<'a> {
         at: Site,
         cases: &[Case],
         other: &[Node],
-        vars: &mut Visible,
+        vars: &mut VisibleVariables,
         rows: &mut Vec<Row>,
     ) -> Result<usize, OutOfMemory>
         ensures writes { Writes (arms_meet (view_site at)
@@ -342,7 +341,7 @@ impl<'a> Builder<'a> {
         &self,
         hole: usize,
         arguments: &[Argument],
-        vars: &mut Visible,
+        vars: &mut VisibleVariables,
         rows: &mut Vec<Row>,
     ) -> Result<usize, OutOfMemory>
         requires { hole < length rows.old.items }
@@ -365,7 +364,7 @@ impl<'a> Builder<'a> {
     fn given(
         &self,
         argument: &Argument,
-        vars: &mut Visible,
+        vars: &mut VisibleVariables,
         rows: &mut Vec<Row>,
     ) -> Result<usize, OutOfMemory>
         ensures writes { Writes (given_frame (plan_context self.now) (view_given argument.now.given) argument.now.span
@@ -388,7 +387,7 @@ impl<'a> Builder<'a> {
         &self,
         at: Site,
         body: &MessageBody,
-        vars: &mut Visible,
+        vars: &mut VisibleVariables,
         rows: &mut Vec<Row>,
     ) -> Result<usize, OutOfMemory>
         ensures writes { Writes (body_plan (plan_context self.now) (view_body body.now) (view_vars vars.old) (view_site at))
@@ -413,7 +412,7 @@ impl<'a> Builder<'a> {
         at: Site,
         cases: &[PluralCase],
         other: &MessageBody,
-        vars: &mut Visible,
+        vars: &mut VisibleVariables,
         rows: &mut Vec<Row>,
     ) -> Result<usize, OutOfMemory>
         ensures writes { Writes (arms_meet (view_site at)
@@ -439,7 +438,7 @@ impl<'a> Builder<'a> {
         at: Site,
         cases: &[SelectCase],
         other: &MessageBody,
-        vars: &mut Visible,
+        vars: &mut VisibleVariables,
         rows: &mut Vec<Row>,
     ) -> Result<usize, OutOfMemory>
         ensures writes { Writes (arms_meet (view_site at)

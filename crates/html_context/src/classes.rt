@@ -8,9 +8,8 @@ ghost use Rattle.soy_tree.specs.ViewExpressions.{view_expr};
 ghost use Rattle.soy_tree.specs.ViewTypes.{view_members, view_type};
 ghost use Rattle.soy_expr.specs.ViewScope.{view_vars};
 
-use crate::visible::Visible;
 use soy_base::{Kind, OutOfMemory, Refusal, ValueClass};
-use soy_expr::type_by;
+use soy_expr::{VisibleVariables, type_by};
 use soy_tree::{Expr, SoyType};
 use std::alloc::Global;
 
@@ -57,7 +56,7 @@ fn push_all(classes: &mut Vec<ValueClass>, members: &[SoyType]) -> Result<(), Ou
 pub(crate) fn printed_classes(
     alloc: Global,
     expr: &Expr,
-    vars: &Visible,
+    vars: &VisibleVariables,
 ) -> Result<Vec<ValueClass>, OutOfMemory>
     ensures { IfOk result (λ classes. classes.items ≡ printed_classes (view_expr expr.now) (view_vars vars.now)) }
 {

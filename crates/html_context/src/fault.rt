@@ -14,14 +14,14 @@ pub struct PlaceFault {
 }
 
 /// The number of a file, and an offset in it, in bytes.
-#[derive(Clone, Copy, Debug)]
+#[derive(Clone, Copy)]
 pub(crate) struct Site {
     pub file: u32,
     pub at: u64,
 }
 
 /// The first fault of a walk, and for 12 both placings.
-#[derive(Clone, Copy, Debug)]
+#[derive(Clone, Copy)]
 pub(crate) struct FirstFault {
     pub code: Code,
     pub at: Site,

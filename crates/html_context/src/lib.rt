@@ -17,7 +17,6 @@ mod heads;
 mod hole;
 mod inferring;
 mod memo;
-mod narrowing;
 mod parts;
 mod scope;
 mod source;
@@ -25,7 +24,6 @@ mod states;
 mod table;
 mod templates;
 mod text;
-mod visible;
 mod walker;
 mod writing;
 

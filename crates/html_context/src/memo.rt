@@ -78,13 +78,8 @@ pub(crate) fn key_of(
 ) -> Result<Vec<usize>, OutOfMemory>
     ensures { OnOk result (memo.new.kept ≡ memo.old.kept) }
 {
-    if !memo.met.contains_key(&body) {
-        memo.met.insert(body, Vec::new(alloc))?;
-    }
-    match memo.met.get_mut(&body) {
-        None => Ok(Vec::new(alloc)),
-        Some(met) => numbers_of(alloc, body, met, before),
-    }
+    let met = memo.met.entry(body)?.or_insert(Vec::new(alloc));
+    numbers_of(alloc, body, met, before)
 }
 
 /// Whether two lists have the same states.

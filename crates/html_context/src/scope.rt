@@ -10,17 +10,21 @@ ghost use Rattle.soy_tree.specs.ViewNodes.{view_node};
 ghost use Rattle.soy_tree.specs.ViewTrees.{view_params};
 ghost use Rattle.soy_tree.specs.ViewTypes.{view_type};
 ghost use Rattle.soy_expr.specs.ViewScope.{view_vars};
-ghost use Rattle.html_context.specs.Grows.{Grows};
-ghost use Rattle.html_context.specs.Visible.{variable};
+ghost use Rattle.soy_expr.specs.Grows.{Grows};
+ghost use Rattle.soy_expr.specs.Visible.{variable};
 
-use crate::visible::Visible;
 use soy_base::{Boxed, OutOfMemory, Refusal, Text};
-use soy_expr::{kind_type, param_type, type_by};
+use soy_expr::{VisibleVariables, kind_type, param_type, type_by};
 use soy_tree::{Expr, Form, Node, Param, SoyType};
 use std::alloc::Global;
 
 /// One more variable is visible.
-fn declare(alloc: Global, name: &Text, of: SoyType, vars: &mut Visible) -> Result<(), OutOfMemory>
+fn declare(
+    alloc: Global,
+    name: &Text,
+    of: SoyType,
+    vars: &mut VisibleVariables,
+) -> Result<(), OutOfMemory>
     ensures scope { OnOk result (view_vars vars.new ≡ (name.now, view_type of) ∷ view_vars vars.old) }
     ensures grown { OnOk result (Grows vars.old vars.new) }
 {
@@ -29,8 +33,12 @@ fn declare(alloc: Global, name: &Text, of: SoyType, vars: &mut Visible) -> Resul
 }
 
 /// The variable of a let is visible past it.
-#[tactic(auto, using(crate::proofs::Growth::grown_same))]
-pub(crate) fn pass(alloc: Global, node: &Node, vars: &mut Visible) -> Result<(), OutOfMemory>
+#[tactic(auto, using(soy_expr::proofs::Growth::grown_same))]
+pub(crate) fn pass(
+    alloc: Global,
+    node: &Node,
+    vars: &mut VisibleVariables,
+) -> Result<(), OutOfMemory>
     ensures scope { OnOk result (view_vars vars.new ≡ scope_past (view_node node.now) (view_vars vars.old)) }
     ensures grown { OnOk result (Grows vars.old vars.new) }
 {
@@ -51,7 +59,7 @@ fn enter_items(
     name: &Text,
     index: &Option<Boxed<Text>>,
     of: &SoyType,
-    vars: &mut Visible,
+    vars: &mut VisibleVariables,
 ) -> Result<(), OutOfMemory>
     ensures scope { OnOk result (view_vars vars.new
         ≡ body_scope name.now index.now (Ok (ListType (view_type of.now))) (view_vars vars.old)) }
@@ -68,13 +76,13 @@ fn enter_items(
 }
 
 /// The variables of a loop are visible in its body.
-#[tactic(auto, using(crate::proofs::Growth::grown_same))]
+#[tactic(auto, using(soy_expr::proofs::Growth::grown_same))]
 pub(crate) fn enter_loop(
     alloc: Global,
     name: &Text,
     index: &Option<Boxed<Text>>,
     list: &Expr,
-    vars: &mut Visible,
+    vars: &mut VisibleVariables,
 ) -> Result<(), OutOfMemory>
     ensures scope { OnOk result (view_vars vars.new
         ≡ body_scope name.now index.now (type_of (view_expr list.now) (view_vars vars.old)) (view_vars vars.old)) }
@@ -89,10 +97,10 @@ pub(crate) fn enter_loop(
 }
 
 /// The parameters of a template as variables, of which the first is the innermost.
-pub(crate) fn param_vars(alloc: Global, params: &[Param]) -> Result<Visible, OutOfMemory>
+pub(crate) fn param_vars(alloc: Global, params: &[Param]) -> Result<VisibleVariables, OutOfMemory>
     ensures { IfOk result (λ vars. view_vars vars ≡ param_scope (view_params params.now)) }
 {
-    let mut vars = Visible::new(alloc);
+    let mut vars = VisibleVariables::new(alloc);
     let mut left = params.len();
     while left > 0 {
         left -= 1;

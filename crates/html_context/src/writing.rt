@@ -11,8 +11,8 @@ ghost use Rattle.html_context.specs.Walks.{view_site};
 use crate::classes::printed_classes;
 use crate::fault::Site;
 use crate::table::Row;
-use crate::visible::Visible;
 use soy_base::{OutOfMemory, Seq, Text, ValueClass};
+use soy_expr::VisibleVariables;
 use soy_tree::Expr;
 use std::alloc::Global;
 
@@ -69,7 +69,7 @@ pub(crate) fn write_print(
     alloc: Global,
     at: Site,
     expr: &Expr,
-    vars: &Visible,
+    vars: &VisibleVariables,
     rows: &mut Vec<Row>,
 ) -> Result<usize, OutOfMemory>
     ensures { Writes (Hole (view_site at) (printed_classes (view_expr expr.now) (view_vars vars.now)))

@@ -1,9 +1,6 @@
 mod Demanding
-mod DistinctParams
 mod FirstOfNames
-mod Growth
 mod Indexes
-mod Keyed
 mod Keys
 mod Loops
 mod Passing
@@ -12,4 +9,3 @@ mod Rows
 mod SetsOfNames
 mod Spans
 mod Types
-mod Undoing

@@ -1,9 +1,5 @@
 pub mod Answers
 pub mod FullNames
-pub mod Grows
 pub mod Named
-pub mod PutBack
 pub mod Rules
-pub mod TypeNamed
 pub mod ViewAround
-pub mod Visible

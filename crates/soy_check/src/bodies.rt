@@ -7,20 +7,20 @@ ghost use Rattle.soy_tree.specs.ViewNodes.{view_arguments, view_arms, view_body,
 ghost use Rattle.soy_tree.specs.ViewNodes.{view_nodes, view_plural_cases, view_select_cases};
 ghost use Rattle.soy_tree.specs.ViewTrees.{view_param, view_params};
 ghost use Rattle.soy_expr.specs.ViewScope.{view_vars};
+ghost use Rattle.soy_expr.specs.Grows.{Grows};
 ghost use Rattle.soy_check.specs.Answers.{Ends, Passes};
-ghost use Rattle.soy_check.specs.Grows.{Grows};
 ghost use Rattle.soy_check.specs.ViewAround.{view_around};
 
 use crate::around::Around;
 use crate::calls::{callee_params, check_demands, named_param};
 use crate::commands::{Takes, check_accepted, check_expr, check_plain, check_print, check_values};
 use crate::names::Names;
-use crate::narrowing::{narrow_variables, restore};
 use crate::template::Indexed;
 use crate::variables::{check_let, check_new, declare, enter_loop};
-use crate::visible::Visible;
 use soy_base::{Refusal, Span};
-use soy_expr::{TypeFault, kind_type, param_type, type_by};
+use soy_expr::{
+    TypeFault, VisibleVariables, kind_type, narrow_variables, param_type, restore, type_by,
+};
 use soy_tree::{
     Argument, Arm, Case, Form, Given, MessageBody, Node, Param, PluralCase, SelectCase,
 };
@@ -28,32 +28,32 @@ use std::alloc::Global;
 
 /// Nodes, whose variables are visible up to the last of them.
 #[cycle(checking)]
-#[tactic(auto, using(crate::proofs::Refusals::refused_first, crate::proofs::Growth::grown_same, crate::proofs::Growth::grown_further, crate::proofs::Growth::grown_left))]
+#[tactic(auto, using(crate::proofs::Refusals::refused_first, soy_expr::proofs::Growth::grown_same, soy_expr::proofs::Growth::grown_further, soy_expr::proofs::Growth::grown_left))]
 pub(crate) fn check_nodes(
     alloc: Global,
     around: &Around,
     nodes: &[Node],
-    vars: &mut Visible,
+    vars: &mut VisibleVariables,
 ) -> Result<(), Refusal<TypeFault>>
     ensures ends { Ends (after_nodes (view_around around.now) (view_nodes nodes.now) (view_vars vars.old)) result }
     ensures unchanged { OnOk result (vars.new ≡ vars.old) }
 {
-    let mark = vars.len();
+    let count = vars.count()?;
     for node in nodes {
         check_node(alloc, around, node, vars)?;
     }
-    vars.leave(mark);
+    vars.leave(count);
     Ok(())
 }
 
 /// A node, after which a variable more may be visible.
 #[cycle(checking)]
-#[tactic(auto, using(crate::proofs::Refusals::refused_first, crate::proofs::Growth::grown_same, crate::proofs::Growth::grown_one, crate::proofs::Growth::grown_left, crate::proofs::Loops::loop_is))]
+#[tactic(auto, using(crate::proofs::Refusals::refused_first, soy_expr::proofs::Growth::grown_same, soy_expr::proofs::Growth::grown_one, soy_expr::proofs::Growth::grown_left, crate::proofs::Loops::loop_is))]
 fn check_node(
     alloc: Global,
     around: &Around,
     node: &Node,
-    vars: &mut Visible,
+    vars: &mut VisibleVariables,
 ) -> Result<(), Refusal<TypeFault>>
     ensures passes { Passes (after_node (view_around around.now) (view_node node.now) (view_vars vars.old))
         (view_vars vars.new) result }
@@ -84,10 +84,10 @@ fn check_node(
             Ok(())
         }
         Form::For(name, index, list, body) => {
-            let mark = vars.len();
+            let count = vars.count()?;
             enter_loop(alloc, name, index, list, span, vars)?;
             check_nodes(alloc, around, body.items(), vars)?;
-            vars.leave(mark);
+            vars.leave(count);
             Ok(())
         }
         Form::Let(name, expr) => check_let(alloc, name, expr, span, vars),
@@ -123,7 +123,7 @@ fn check_arms(
     alloc: Global,
     around: &Around,
     arms: &[Arm],
-    vars: &mut Visible,
+    vars: &mut VisibleVariables,
 ) -> Result<(), Refusal<TypeFault>>
     ensures passes { Passes (after_arms (view_around around.now) (view_arms arms.now) (view_vars vars.old))
         (view_vars vars.old) result }
@@ -146,7 +146,7 @@ fn check_cases(
     alloc: Global,
     around: &Around,
     cases: &[Case],
-    vars: &mut Visible,
+    vars: &mut VisibleVariables,
 ) -> Result<(), Refusal<TypeFault>>
     ensures passes { Passes (after_cases (view_around around.now) (view_cases cases.now) (view_vars vars.old))
         (view_vars vars.old) result }
@@ -167,7 +167,7 @@ fn check_arguments(
     around: &Around,
     given: &[Argument],
     callee: &Indexed,
-    vars: &mut Visible,
+    vars: &mut VisibleVariables,
 ) -> Result<(), Refusal<TypeFault>>
     ensures passes { Passes (after_arguments (view_around around.now) (view_arguments given.now) []
         (view_params callee.now.declared.template.now.params) (view_vars vars.old)) (view_vars vars.old) result }
@@ -191,7 +191,7 @@ fn check_given(
     given: &Given,
     span: Span,
     param: &Param,
-    vars: &mut Visible,
+    vars: &mut VisibleVariables,
 ) -> Result<(), Refusal<TypeFault>>
     ensures passes { Passes (after_given (view_around around.now) (view_given given.now) span (view_param param.now)
         (view_vars vars.old)) (view_vars vars.old) result }
@@ -214,7 +214,7 @@ fn check_body(
     alloc: Global,
     around: &Around,
     body: &MessageBody,
-    vars: &mut Visible,
+    vars: &mut VisibleVariables,
 ) -> Result<(), Refusal<TypeFault>>
     ensures passes { Passes (after_body (view_around around.now) (view_body body.now) (view_vars vars.old))
         (view_vars vars.old) result }
@@ -247,7 +247,7 @@ fn check_plural_cases(
     alloc: Global,
     around: &Around,
     cases: &[PluralCase],
-    vars: &mut Visible,
+    vars: &mut VisibleVariables,
 ) -> Result<(), Refusal<TypeFault>>
     ensures passes { Passes (after_plural_cases (view_around around.now) (view_plural_cases cases.now)
         (view_vars vars.old)) (view_vars vars.old) result }
@@ -266,7 +266,7 @@ fn check_select_cases(
     alloc: Global,
     around: &Around,
     cases: &[SelectCase],
-    vars: &mut Visible,
+    vars: &mut VisibleVariables,
 ) -> Result<(), Refusal<TypeFault>>
     ensures passes { Passes (after_select_cases (view_around around.now) (view_select_cases cases.now)
         (view_vars vars.old)) (view_vars vars.old) result }

@@ -18,9 +18,8 @@ use crate::faults::misnamed;
 use crate::names::Names;
 use crate::names_given::NamesGiven;
 use crate::template::Indexed;
-use crate::visible::Visible;
 use soy_base::{Code, OutOfMemory, Refusal, Span, Text};
-use soy_expr::{TypeFault, param_type};
+use soy_expr::{TypeFault, VisibleVariables, param_type};
 use soy_rules::called_name;
 use soy_tree::{Argument, Param};
 use std::alloc::Global;
@@ -82,7 +81,7 @@ pub(crate) fn check_demands(
     given: &[Argument],
     span: Span,
     callee: &Indexed,
-    vars: &Visible,
+    vars: &VisibleVariables,
 ) -> Result<(), Refusal<TypeFault>>
     ensures { Passes (param_demands (view_around around.now) all (names_given (view_arguments given.now)) span
         (view_params callee.now.declared.template.now.params) (view_vars vars.now)) (view_vars vars.now) result }
@@ -110,7 +109,7 @@ fn check_each(
     names: &NamesGiven,
     span: Span,
     params: &[Param],
-    vars: &Visible,
+    vars: &VisibleVariables,
 ) -> Result<(), Refusal<TypeFault>>
     ensures { Passes (param_demands (view_around around.now) true
         (names_given (view_arguments names.now.given.now)) span (view_params params.now) (view_vars vars.now))
@@ -132,7 +131,7 @@ fn check_required(
     names: &NamesGiven,
     span: Span,
     callee: &Indexed,
-    vars: &Visible,
+    vars: &VisibleVariables,
 ) -> Result<(), Refusal<TypeFault>>
     ensures { Passes (param_demands (view_around around.now) false
         (names_given (view_arguments names.now.given.now)) span
@@ -155,7 +154,7 @@ fn check_unnamed(
     all: bool,
     span: Span,
     param: &Param,
-    vars: &Visible,
+    vars: &VisibleVariables,
 ) -> Result<(), Refusal<TypeFault>>
     ensures { Passes (unnamed_demand (view_around around.now) all span (view_param param.now) (view_vars vars.now))
         (view_vars vars.now) result }
@@ -174,7 +173,7 @@ fn check_handed(
     alloc: Global,
     span: Span,
     param: &Param,
-    vars: &Visible,
+    vars: &VisibleVariables,
 ) -> Result<(), Refusal<TypeFault>>
     ensures { Passes (handed (param_type (view_param param.now)) span
         (variable_type param.now.name (view_vars vars.now)) (view_vars vars.now)) (view_vars vars.now) result }

@@ -1,11 +1,11 @@
 //! The check of the trees of all files.
 
-ghost use Rattle.std.specs.Prelude.{◌≡◌, ◌∷◌, ◌<◌, ◌^◌, [], length, option_map, None, IfOk, OnOk, reverse};
-ghost use Rattle.soy_rules.specs.Declarations.{declaration_fault, params_fault};
+ghost use Rattle.std.specs.Prelude.{◌≡◌, ◌∷◌, ◌<◌, ◌^◌, [], length, option_map, IfOk, OnOk, reverse};
+ghost use Rattle.soy_rules.specs.Declarations.{declaration_fault};
 ghost use Rattle.soy_rules.specs.Demands.{bodies_fault, body_fault, check_fault, declarations_fault, in_file};
 ghost use Rattle.soy_tree.specs.Formed.{AreFormed};
 ghost use Rattle.soy_rules.specs.ViewTemplates.{view_declared};
-ghost use Rattle.soy_tree.specs.ViewTrees.{view_params, view_trees};
+ghost use Rattle.soy_tree.specs.ViewTrees.{view_trees};
 ghost use Rattle.soy_check.specs.Answers.{Checks, Finds, FindsInFile};
 ghost use Rattle.soy_check.specs.FullNames.{full_names};
 ghost use Rattle.soy_check.specs.ViewAround.{view_all};
@@ -94,8 +94,7 @@ fn check_bodies<'n, 'a, 't>(
     all: &'a [Indexed<'t>],
     names: &'n Names<'a>,
 ) -> Result<(), Refusal<CheckFault>>
-    requires names { names.now ≡ reverse (full_names all.now) }
-    requires declared { declarations_fault (view_all all.now) [] ≡ None }
+    requires { names.now ≡ reverse (full_names all.now) }
     ensures { FindsInFile (bodies_fault (view_all all.now) (view_all all.now)) result }
 {
     for one in all {
@@ -111,8 +110,7 @@ fn check_template<'n, 'a, 't>(
     names: &'n Names<'a>,
     one: &'a Indexed<'t>,
 ) -> Result<(), Refusal<CheckFault>>
-    requires names { names.now ≡ reverse (full_names all.now) }
-    requires declared { params_fault (view_params one.now.declared.template.now.params) [] ≡ None }
+    requires { names.now ≡ reverse (full_names all.now) }
     ensures { FindsInFile (option_map (in_file one.now.declared.file)
         (body_fault (view_all all.now) (view_declared one.now.declared))) result }
 {
@@ -129,8 +127,7 @@ fn check_body<'n, 'a, 't>(
     names: &'n Names<'a>,
     one: &'a Indexed<'t>,
 ) -> Result<(), Refusal<TypeFault>>
-    requires names { names.now ≡ reverse (full_names all.now) }
-    requires declared { params_fault (view_params one.now.declared.template.now.params) [] ≡ None }
+    requires { names.now ≡ reverse (full_names all.now) }
     ensures { Finds (body_fault (view_all all.now) (view_declared one.now.declared)) result }
 {
     let declared = &one.declared;

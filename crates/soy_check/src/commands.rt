@@ -12,15 +12,16 @@ ghost use Rattle.soy_check.specs.Answers.{Passes};
 ghost use Rattle.soy_check.specs.Rules.{is_taken, printed};
 
 use crate::faults::untyped;
-use crate::visible::Visible;
 use soy_base::{Code, Refusal, Span};
-use soy_expr::{TypeFault, both_mistyped, is_int, is_simple, is_string, param_type, type_by};
+use soy_expr::{
+    TypeFault, VisibleVariables, both_mistyped, is_int, is_simple, is_string, param_type, type_by,
+};
 use soy_rules::accepts_by_names;
 use soy_tree::{Expr, Param, SoyType};
 use std::alloc::Global;
 
 /// Which types a command takes: those made of null, bool, int and string alone, exactly int, or exactly string.
-#[derive(Clone, Copy, Debug)]
+#[derive(Clone, Copy)]
 pub(crate) enum Takes {
     Simple,
     Int,
@@ -33,7 +34,7 @@ pub(crate) fn check_print(
     alloc: Global,
     expr: &Expr,
     span: Span,
-    vars: &Visible,
+    vars: &VisibleVariables,
 ) -> Result<(), Refusal<TypeFault>>
     ensures { Passes (printed (view_expr expr.now) span (view_vars vars.now)) (view_vars vars.now) result }
 {
@@ -86,7 +87,7 @@ pub(crate) fn check_expr(
     alloc: Global,
     takes: Takes,
     expr: &Expr,
-    vars: &Visible,
+    vars: &VisibleVariables,
 ) -> Result<(), Refusal<TypeFault>>
     ensures { Passes (passing (is_taken takes) (view_expr expr.now) (view_vars vars.now)) (view_vars vars.now) result }
 {
@@ -112,7 +113,7 @@ fn is_taken(takes: Takes, of: &SoyType) -> bool
 pub(crate) fn check_values(
     alloc: Global,
     values: &[Expr],
-    vars: &Visible,
+    vars: &VisibleVariables,
 ) -> Result<(), Refusal<TypeFault>>
     ensures { Passes (each_passing (view_exprs values.now) (view_vars vars.now)) (view_vars vars.now) result }
 {
@@ -128,7 +129,7 @@ pub(crate) fn check_plain(
     alloc: Global,
     expr: &Expr,
     param: &Param,
-    vars: &Visible,
+    vars: &VisibleVariables,
 ) -> Result<(), Refusal<TypeFault>>
     ensures { Passes (plain_argument (view_expr expr.now) (view_param param.now) (view_vars vars.now))
         (view_vars vars.now) result }

@@ -10,7 +10,7 @@ use std::alloc::Global;
 use std::marker::Model;
 
 /// Names, which contracts see as their list, the last one first. A name is found without a walk over the list.
-#[derive(Debug, Drop)]
+#[derive(Drop)]
 pub(crate) struct Names<'a> {
     names: IndexSet<&'a str>,
 }

@@ -1,8 +1,7 @@
 //! What commands and parameters make visible.
 
-ghost use Rattle.std.specs.Prelude.{◌≡◌, ◌∷◌, [], None, IfOk, OnOk, Ok, bytes_eq, false, option_map};
+ghost use Rattle.std.specs.Prelude.{◌≡◌, ◌∷◌, IfOk, OnOk, Ok, option_map};
 ghost use Rattle.soy_rules.specs.Bodies.{new_variable, new_variables};
-ghost use Rattle.soy_rules.specs.Declarations.{params_fault};
 ghost use Rattle.soy_rules.specs.Faults.{followed_by};
 ghost use Rattle.soy_rules.specs.Templates.{param_scope, param_type};
 ghost use Rattle.soy_tree.specs.Types.{IntType};
@@ -10,25 +9,25 @@ ghost use Rattle.soy_tree.specs.ViewExpressions.{view_expr};
 ghost use Rattle.soy_tree.specs.ViewTrees.{view_params};
 ghost use Rattle.soy_tree.specs.ViewTypes.{view_type};
 ghost use Rattle.soy_expr.specs.ViewScope.{view_vars};
+ghost use Rattle.soy_expr.specs.Grows.{Grows};
+ghost use Rattle.soy_expr.specs.Visible.{variable};
 ghost use Rattle.soy_check.specs.Answers.{Passes};
-ghost use Rattle.soy_check.specs.Grows.{Grows};
 ghost use Rattle.soy_check.specs.Rules.{item_type, let_scope, loop_start, with_pair};
-ghost use Rattle.soy_check.specs.TypeNamed.{AreNew, type_named};
-ghost use Rattle.soy_check.specs.Visible.{variable};
 
 use crate::faults::{misnamed, untyped};
-use crate::visible::Visible;
 use soy_base::{Boxed, Code, OutOfMemory, Refusal, Span, Text};
-use soy_expr::{TypeFault, param_type, type_by};
+use soy_expr::{TypeFault, VisibleVariables, param_type, type_by};
 use soy_tree::{Expr, Param, SoyType};
 use std::alloc::Global;
 
 /// The parameters of a template as variables.
-pub(crate) fn param_variables(alloc: Global, params: &[Param]) -> Result<Visible, OutOfMemory>
-    requires { params_fault (view_params params.now) [] ≡ None }
+pub(crate) fn param_variables(
+    alloc: Global,
+    params: &[Param],
+) -> Result<VisibleVariables, OutOfMemory>
     ensures { IfOk result (λ vars. view_vars vars ≡ param_scope (view_params params.now)) }
 {
-    let mut vars = Visible::new(alloc);
+    let mut vars = VisibleVariables::new(alloc);
     let mut left = params.len();
     while left > 0 {
         left -= 1;
@@ -45,10 +44,9 @@ pub(crate) fn check_new(
     alloc: Global,
     name: &Text,
     span: Span,
-    vars: &Visible,
+    vars: &VisibleVariables,
 ) -> Result<(), Refusal<TypeFault>>
-    ensures passes { Passes (new_variable name.now span (view_vars vars.now)) (view_vars vars.now) result }
-    ensures new { OnOk result (type_named name.now vars.now ≡ None) }
+    ensures { Passes (new_variable name.now span (view_vars vars.now)) (view_vars vars.now) result }
 {
     match vars.find(name) {
         Some(_) => Err(misnamed(alloc, Code::Twice, span, name)),
@@ -61,9 +59,8 @@ pub(crate) fn declare(
     alloc: Global,
     name: &Text,
     of: SoyType,
-    vars: &mut Visible,
+    vars: &mut VisibleVariables,
 ) -> Result<(), OutOfMemory>
-    requires { type_named name.now vars.old ≡ None }
     ensures scope { OnOk result (vars.new ≡ variable name.now of ∷ vars.old) }
     ensures grown { OnOk result (Grows vars.old vars.new) }
 {
@@ -78,7 +75,7 @@ pub(crate) fn check_let(
     name: &Text,
     expr: &Expr,
     span: Span,
-    vars: &mut Visible,
+    vars: &mut VisibleVariables,
 ) -> Result<(), Refusal<TypeFault>>
     ensures passes { Passes (let_scope name.now (view_expr expr.now) span (view_vars vars.old))
         (view_vars vars.new) result }
@@ -96,7 +93,7 @@ pub(crate) fn enter_loop(
     index: &Option<Boxed<Text>>,
     list: &Expr,
     span: Span,
-    vars: &mut Visible,
+    vars: &mut VisibleVariables,
 ) -> Result<(), Refusal<TypeFault>>
     ensures passes { Passes (loop_start name.now index.now (view_expr list.now) span (view_vars vars.old))
         (view_vars vars.new) result }
@@ -113,7 +110,7 @@ fn enter_items(
     index: &Option<Boxed<Text>>,
     list: &Expr,
     span: Span,
-    vars: &mut Visible,
+    vars: &mut VisibleVariables,
 ) -> Result<(), Refusal<TypeFault>>
     ensures passes { Passes (loop_start name.now index.now (view_expr list.now) span (view_vars vars.old))
         (view_vars vars.new) result }
@@ -143,9 +140,8 @@ fn declare_pair(
     name: &Text,
     index: &Option<Boxed<Text>>,
     item: SoyType,
-    vars: &mut Visible,
+    vars: &mut VisibleVariables,
 ) -> Result<(), OutOfMemory>
-    requires { AreNew name.now index.now vars.old }
     ensures scope { OnOk result (view_vars vars.new
         ≡ with_pair name.now index.now (view_type item) (view_vars vars.old)) }
     ensures grown { OnOk result (Grows vars.old vars.new) }
@@ -167,10 +163,9 @@ fn check_new_pair(
     name: &Text,
     index: &Option<Boxed<Text>>,
     span: Span,
-    vars: &Visible,
+    vars: &VisibleVariables,
 ) -> Result<(), Refusal<TypeFault>>
-    ensures passes { Passes (new_variables name.now index.now span (view_vars vars.now)) (view_vars vars.now) result }
-    ensures new { OnOk result (AreNew name.now index.now vars.now) }
+    ensures { Passes (new_variables name.now index.now span (view_vars vars.now)) (view_vars vars.now) result }
 {
     check_new(alloc, name, span, vars)?;
     match index {
@@ -186,11 +181,10 @@ fn check_new_index(
     name: &Text,
     index: &Text,
     span: Span,
-    vars: &Visible,
+    vars: &VisibleVariables,
 ) -> Result<(), Refusal<TypeFault>>
-    ensures passes { Passes (followed_by (new_variable index.now span ((name.now, IntType) ∷ view_vars vars.now))
+    ensures { Passes (followed_by (new_variable index.now span ((name.now, IntType) ∷ view_vars vars.now))
         (λ inner. Ok (view_vars vars.now))) (view_vars vars.now) result }
-    ensures new { OnOk result ((bytes_eq name.now index.now ≡ false) × (type_named index.now vars.now ≡ None)) }
 {
     if name.is(index.text()) {
         return Err(misnamed(alloc, Code::Twice, span, index));

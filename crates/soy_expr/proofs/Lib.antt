@@ -1,5 +1,7 @@
 pub mod AsciiTexts
 pub mod Forgetting
+pub mod Growth
+mod Keyed
 mod Nearest
 pub mod PartRows
 mod Refusals
@@ -10,4 +12,5 @@ mod TextsLeft
 mod TypeNumbers
 mod TypeSearch
 mod TypeTexts
+mod Undoing
 mod ValueOrBlock

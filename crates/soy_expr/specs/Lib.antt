@@ -1,11 +1,15 @@
 pub mod Ascii
 pub mod Evaluates
 pub mod ForgottenBlocks
+pub mod Grows
 pub mod HasValueType
+pub mod LastNamed
 pub mod MemberKinds
 pub mod Parts
+pub mod PutBack
 pub mod Rules
 pub mod Separators
+pub mod TypeNamed
 pub mod TypeNumbers
 pub mod ViewEnv
 pub mod ViewEvaluated
@@ -13,3 +17,4 @@ pub mod ViewScope
 pub mod ViewShallow
 pub mod ViewTypeFault
 pub mod ViewTyping
+pub mod Visible

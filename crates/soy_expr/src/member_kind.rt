@@ -13,7 +13,7 @@ use soy_tree::SoyType;
 
 /// The members that a type is searched for: null, html or attributes, or one that is none of null, bool, int and
 /// string.
-#[derive(Clone, Copy, Debug)]
+#[derive(Clone, Copy)]
 pub(crate) enum MemberKind {
     Null,
     Block,

@@ -1,4 +1,4 @@
-use Rattle.html_context.proofs.Growth.{grown_one}
+use Rattle.soy_expr.proofs.Growth.{grown_one}
 use Rattle.html_context.proofs.scope.declare.Goals as goal
 
 pub returns-clause-grown : goal.returns-clause-grown

@@ -1,4 +1,4 @@
-use Rattle.html_context.proofs.Growth.{grown_further}
+use Rattle.soy_expr.proofs.Growth.{grown_further}
 use Rattle.html_context.proofs.scope.enter_items.Goals as goal
 
 pub returns-in_ok-declare-in-Some-clause-grown : goal.returns-in_ok-declare-in-Some-clause-grown

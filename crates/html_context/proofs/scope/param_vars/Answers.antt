@@ -8,7 +8,7 @@ use Rattle.soy_tree.specs.ViewTrees.{view_param, view_params}
 use Rattle.soy_tree.proofs.Drops.{drop_next}
 use Rattle.soy_rules.proofs.Views.{view_field-is}
 use Rattle.soy_expr.specs.ViewScope.{view_vars}
-use Rattle.html_context.specs.Visible.{variable}
+use Rattle.soy_expr.specs.Visible.{variable}
 use Rattle.html_context.proofs.scope.param_vars.Goals as goal
 
 pub loop-left-preserved : goal.loop-left-preserved

@@ -3,8 +3,8 @@ use Rattle.std.proofs.lemmas.Result.{err_from_is_err_and}
 use Rattle.soy_tree.specs.ViewTrees.{view_param}
 use Rattle.soy_tree.specs.ViewTypes.{view_type}
 use Rattle.soy_expr.specs.ViewScope.{view_vars}
+use Rattle.soy_expr.proofs.Growth.{grown_further}
 use Rattle.soy_check.specs.ViewAround.{view_around}
-use Rattle.soy_check.proofs.Growth.{grown_further}
 use Rattle.soy_check.proofs.Rows.{block_refused, nodes_step}
 use Rattle.soy_check.proofs.bodies.+checking.Goals as goal
 
@@ -28,5 +28,5 @@ check_nodes-loop-node-preserved t c = record {
       c.in_ok-check_node.ensures.passes;
   grown = grown_further c.args.vars.now c.loop-node.vars c.check_node.new.vars
       c.loop-node.invariant.grown c.in_ok-check_node.ensures.grown;
-  mark = c.loop-node.invariant.mark;
+  count = c.loop-node.invariant.count;
 }

@@ -5,7 +5,7 @@ use Rattle.soy_tree.specs.ViewNodes.{view_arguments, view_arms, view_cases, view
 use Rattle.soy_tree.specs.ViewNodes.{view_select_cases}
 use Rattle.soy_tree.specs.ViewTrees.{view_params}
 use Rattle.soy_expr.specs.ViewScope.{view_vars}
-use Rattle.soy_check.specs.Grows.{Grows}
+use Rattle.soy_expr.specs.Grows.{Grows}
 use Rattle.soy_check.specs.ViewAround.{view_around}
 use Rattle.soy_check.proofs.bodies.+checking.Given as goal
 
@@ -15,7 +15,7 @@ invariant-check_nodes-loop-node l =
       left : after_nodes around (view_nodes l.nodes) (view_vars l.initial.vars)
           ≡ after_nodes around (view_nodes (drop l.node-index l.nodes)) (view_vars l.vars);
       grown : Grows l.initial.vars l.vars;
-      mark : l.mark ≡ length l.initial.vars;
+      count : l.count ≡ length l.initial.vars;
     }
 
 abbrev pub invariant-check_arms-loop-arm : goal.invariant-check_arms-loop-arm

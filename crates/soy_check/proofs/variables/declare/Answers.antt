@@ -1,4 +1,4 @@
-use Rattle.soy_check.proofs.Growth.{grown_one}
+use Rattle.soy_expr.proofs.Growth.{grown_one}
 use Rattle.soy_check.proofs.variables.declare.Goals as goal
 
 pub returns-clause-grown : goal.returns-clause-grown

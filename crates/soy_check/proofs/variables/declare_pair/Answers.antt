@@ -1,4 +1,4 @@
-use Rattle.soy_check.proofs.Growth.{grown_further}
+use Rattle.soy_expr.proofs.Growth.{grown_further}
 use Rattle.soy_check.proofs.variables.declare_pair.Goals as goal
 
 pub returns-in_ok-declare-in-Some-clause-grown : goal.returns-in_ok-declare-in-Some-clause-grown

@@ -1,35 +1,15 @@
-use Rattle.std.proofs.Common.{◌≡◌, ◌∷◌, ◌∙◌, ◌+◌, ◌-◌, ◌<◌, ◌≤◌, ℕ, List, [], None, ap}
+use Rattle.std.proofs.Common.{◌≡◌, ◌∷◌, ◌∙◌, ◌+◌, ◌-◌, ◌<◌, ◌≤◌, ℕ, List, ap}
 use Rattle.std.proofs.Common.{arith, drop, length, sym}
 use Rattle.soy_tree.specs.declared.tree.Param as code
 use Rattle.soy_rules.specs.Templates.{param_scope, param_type}
-use Rattle.soy_rules.specs.TypeOf.{Scope, variable_type}
+use Rattle.soy_rules.specs.TypeOf.{Scope}
 use Rattle.soy_tree.specs.Types.{Name, SoyType}
 use Rattle.soy_tree.specs.ViewTrees.{view_param, view_params}
-use Rattle.soy_tree.specs.ViewTypes.{view_type}
 use Rattle.soy_rules.proofs.Views.{view_field-is}
 use Rattle.soy_expr.specs.ViewScope.{view_vars}
-use Rattle.soy_check.specs.TypeNamed.{type_named}
-use Rattle.soy_check.specs.Visible.{variable}
-use Rattle.soy_check.proofs.DistinctParams.{map_none, new_name}
+use Rattle.soy_expr.specs.Visible.{variable}
 use Rattle.soy_tree.proofs.Drops.{drop_next}
-use Rattle.soy_check.proofs.Undoing.{type_named-view}
 use Rattle.soy_check.proofs.variables.param_variables.Goals as goal
-
-pub add-requires : goal.add-requires
-add-requires c =
-    let params = c.args.params.now in
-    let left = c.loop-left.left in
-    let within : left ≤ length params = c.loop-left.invariant.within in
-    let some : 0 < left = c.loop-left-test.true in
-    let below : left - 1 < length params = omega (arith, within, some) in
-    let next : (left - 1) + 1 ≡ left = omega (arith, some) in
-    let param = c.index-params-left.result in
-    let none : variable_type param.name (param_scope (view_params (drop left params))) ≡ None =
-    ap (λ (n : ℕ). variable_type param.name (param_scope (view_params (drop n params)))) (sym next)
-    ∙ new_name params [] (left - 1) param c.requires below c.index-params-left.is in
-    map_none view_type (type_named param.name c.loop-left.vars)
-    (sym (type_named-view c.loop-left.vars param.name)
-    ∙ ap (variable_type param.name) c.loop-left.invariant.scope ∙ none)
 
 pub loop-left-preserved : goal.loop-left-preserved
 loop-left-preserved c =

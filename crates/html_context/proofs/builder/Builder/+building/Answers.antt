@@ -12,8 +12,9 @@ use Rattle.soy_meaning.specs.Paths.PlanOfNodes.{argument_frames, arm_plans, body
 use Rattle.soy_meaning.specs.Paths.PlanOfNodes.{plural_plans}
 use Rattle.soy_meaning.specs.Paths.PlanOfNodes.{fallback_plans, given_frame, scope_past, select_plans}
 use Rattle.soy_meaning.specs.Paths.PlanOfNodes.{translation_plans}
-use Rattle.html_context.specs.Grows.{Grows}
-use Rattle.html_context.specs.PutBack.{put_back}
+use Rattle.soy_expr.specs.Grows.{Grows}
+use Rattle.soy_expr.specs.PutBack.{put_back}
+use Rattle.soy_expr.proofs.Growth.{grown_further}
 use Rattle.html_context.specs.RowPlans.{plan_at}
 use Rattle.html_context.specs.StandsFor.{Writes, walk_of}
 use Rattle.html_context.specs.ViewBuilder.{plan_context}
@@ -23,7 +24,6 @@ use Rattle.html_context.proofs.BuiltLists.{next_select}
 use Rattle.html_context.proofs.BuiltLists.{no_argument_left, no_arm_left, no_case_left, no_node_left, no_plural_left}
 use Rattle.html_context.proofs.BuiltLists.{no_select_left}
 use Rattle.html_context.proofs.BuiltNodes.{given_block, node_call, node_for, node_let_block, node_message}
-use Rattle.html_context.proofs.Growth.{grown_further}
 use Rattle.html_context.proofs.builder.Builder.+building.Goals as goal
 
 pub arms-loop-arm-preserved : goal.arms-loop-arm-preserved

@@ -14,7 +14,7 @@ use Rattle.soy_meaning.specs.Paths.Plan.{Then}
 use Rattle.soy_meaning.specs.Paths.PlanOfNodes.{argument_frames, arm_plans, body_plan, case_plans, nodes_plan}
 use Rattle.soy_meaning.specs.Paths.PlanOfNodes.{plural_plans}
 use Rattle.soy_meaning.specs.Paths.PlanOfNodes.{select_plans}
-use Rattle.html_context.specs.Grows.{Grows}
+use Rattle.soy_expr.specs.Grows.{Grows}
 use Rattle.html_context.specs.RowPlans.{plan_at}
 use Rattle.html_context.specs.StandsFor.{walk_of}
 use Rattle.html_context.specs.ViewBuilder.{plan_context}

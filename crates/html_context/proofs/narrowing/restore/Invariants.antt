@@ -1,9 +1,0 @@
-use Rattle.std.proofs.Common.{◌≡◌, length}
-use Rattle.html_context.specs.PutBack.{put_back}
-use Rattle.html_context.proofs.narrowing.restore.Given as goal
-
-abbrev pub invariant-loop-name : goal.invariant-loop-name
-invariant-loop-name l = put_back l.outside.items l.vars ≡ put_back l.initial.outside.items l.initial.vars
-
-abbrev pub decreases-loop-name : goal.decreases-loop-name
-decreases-loop-name l = length l.outside.items
