@@ -28,7 +28,7 @@ use template_ir::{Op, ProgramParts};
 use value_cursor::{Cursor, give_whole};
 
 /// The text of the static op at a place, from one offset up to its end.
-#[derive(Clone, Copy, Debug)]
+#[derive(Clone, Copy)]
 pub(crate) struct Fixed {
     pub(crate) op: usize,
     pub(crate) start: usize,

@@ -1,7 +1,7 @@
 //! Frames: what a rendering has still to run, by numbers.
 
 /// The ops that are still to be run in a block.
-#[derive(Clone, Copy, Debug)]
+#[derive(Clone, Copy)]
 pub(crate) struct Ahead {
     pub(crate) at: usize,
     pub(crate) end: usize,
@@ -16,7 +16,7 @@ pub(crate) struct Ahead {
 }
 
 /// The turns of the loop at an op that are still to come; its list is what the variable at a place is bound to.
-#[derive(Clone, Copy, Debug)]
+#[derive(Clone, Copy)]
 pub(crate) struct Round {
     pub(crate) op: usize,
     pub(crate) list: usize,
@@ -28,7 +28,7 @@ pub(crate) struct Round {
 
 /// How far a call has handed its parameters: the next one, the number of the callee's variables so far, and how many
 /// variables there were before them.
-#[derive(Clone, Copy, Debug)]
+#[derive(Clone, Copy)]
 pub(crate) struct Handing {
     pub(crate) next: usize,
     pub(crate) inner: usize,
@@ -36,7 +36,7 @@ pub(crate) struct Handing {
 }
 
 /// What a gathered text is for.
-#[derive(Clone, Copy, Debug)]
+#[derive(Clone, Copy)]
 pub(crate) enum Purpose {
     /// It is bound by the op.
     Bind,
@@ -47,7 +47,7 @@ pub(crate) enum Purpose {
 }
 
 /// What is run next. Those that hold an `Ahead` stand at its op.
-#[derive(Clone, Copy, Debug)]
+#[derive(Clone, Copy)]
 pub(crate) enum Frame {
     Ops(Ahead),
     Turns(Round),

@@ -31,7 +31,7 @@ pub(crate) enum Held {
 }
 
 /// A block, the number of the variables where it is written, and how many calls may still be opened from it.
-#[derive(Clone, Copy, Debug)]
+#[derive(Clone, Copy)]
 pub(crate) struct Kept {
     pub(crate) kind: Kind,
     pub(crate) block: Block,
@@ -40,7 +40,7 @@ pub(crate) struct Kept {
 }
 
 /// Where the name of a variable stands in the program.
-#[derive(Clone, Copy, Debug)]
+#[derive(Clone, Copy)]
 pub(crate) enum Naming {
     /// A variable that no expression names.
     Hidden,

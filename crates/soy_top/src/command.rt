@@ -10,7 +10,7 @@ ghost use Rattle.soy_top.specs.View.{view_command};
 ghost use Rattle.soy_top.specs.Words.{command_words};
 
 /// A command with its words. `files` are 1 to 64 names of files.
-#[derive(Clone, Copy, Debug)]
+#[derive(Clone, Copy)]
 pub(crate) enum Command<'a> {
     Render {
         template: &'a str,

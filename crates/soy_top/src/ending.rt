@@ -11,7 +11,7 @@ use soy_base::OutOfMemory;
 use soy_io::{PutFault, Sink, put_all};
 
 /// What a run says instead of an output, each line with its line break.
-#[derive(Debug, Drop)]
+#[derive(Drop)]
 pub(crate) enum Ending {
     /// The usage text.
     Usage,

@@ -25,7 +25,7 @@ pub(crate) enum Output<'a> {
 }
 
 /// How what was put ended: whole, or before a call that nests too deep, with the line of that call.
-#[derive(Debug, Drop)]
+#[derive(Drop)]
 pub(crate) enum End {
     Whole,
     AtCall(String),

@@ -42,7 +42,7 @@ pub(crate) struct Play<'a> {
 }
 
 /// The refusal of a line of a script, lines being counted from 1.
-#[derive(Clone, Copy, Debug)]
+#[derive(Clone, Copy)]
 pub(crate) struct StepFault {
     pub(crate) line: u64,
     pub(crate) code: Code,

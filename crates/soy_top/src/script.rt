@@ -15,14 +15,14 @@ use soy_base::{after_prefix, cut_at, first, first_part, is_empty};
 const PULL_LIMIT: u64 = 4096;
 
 /// Which of the two bundles of a `play`.
-#[derive(Clone, Copy, Debug)]
+#[derive(Clone, Copy)]
 pub(crate) enum ScriptBundle {
     First,
     Second,
 }
 
 /// What a line of a script asks for.
-#[derive(Clone, Copy, Debug)]
+#[derive(Clone, Copy)]
 pub(crate) enum ScriptLine<'a> {
     Open { template: &'a str, json: &'a str },
     Pull { name: u64, count: u64 },

@@ -17,7 +17,7 @@ const SOURCE_LIMIT: usize = 1_048_576;
 const DATA_LIMIT: usize = 4_194_304;
 
 /// A file that is wanted: its name, and the most bytes that it may have.
-#[derive(Clone, Copy, Debug)]
+#[derive(Clone, Copy)]
 pub(crate) struct FileWanted<'a> {
     pub(crate) name: &'a str,
     pub(crate) limit: usize,
