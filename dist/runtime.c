@@ -4,6 +4,9 @@
 #include <stdint.h>
 #include <stdlib.h>
 #include <string.h>
+#ifdef SOYC_PROGRAM
+#include <sys/mman.h>
+#endif
 
 #ifndef __GLIBC__
 #error "this needs glibc, which hands the words of the command line to a constructor"
@@ -37,9 +40,10 @@ void rattle_dealloc(void *address) { free(address); }
 #else
 
 /* The program has one thread, and most of its blocks are small ones that are made and freed again soon. These are cut
-   from chunks, and a freed one waits for the next block of its size; chunks are never given back. The word before a
-   block has its size, that word included, in steps of 16 bytes. Larger blocks are malloc's, and their word is 0. */
-enum { STEP = 16, WORD = 8, SIZES = 64, MOST = SIZES * STEP - WORD, CHUNK = 1 << 16 };
+   from chunks, and a freed one waits for the next block of its size; chunks are never given back. The system makes
+   all pages of a chunk at once, which is quicker than one by one as they are first written. The word before a block has
+   its size, that word included, in steps of 16 bytes. Larger blocks are malloc's, and their word is 0. */
+enum { STEP = 16, WORD = 8, SIZES = 64, MOST = SIZES * STEP - WORD, CHUNK = 1 << 17 };
 static struct freed {
     struct freed *next;
 } *freed[SIZES + 1];
@@ -59,8 +63,8 @@ static void *cut_block(uint64_t steps) {
     char *made;
     if (rest_size < steps * STEP) {
         /* (what is left of the chunk before, at most a kilobyte, is lost) */
-        char *chunk = malloc(CHUNK);
-        if (!chunk) return NULL;
+        char *chunk = mmap(NULL, CHUNK, PROT_READ | PROT_WRITE, MAP_PRIVATE | MAP_ANONYMOUS | MAP_POPULATE, -1, 0);
+        if (chunk == MAP_FAILED) return NULL;
         /* (addresses are multiples of 16, and their words stand before them) */
         rest = chunk + STEP - WORD;
         rest_size = CHUNK - (STEP - WORD);
